@@ -1,5 +1,6 @@
 // The checksums of what the runtimes write; scripts/mte_scripts/checksum.py has the same.
-#pragma once
+#ifndef CHECKSUM_H
+#define CHECKSUM_H
 #include <stddef.h>
 #include <stdint.h>
 
@@ -34,3 +35,4 @@ static inline uint32_t crc(uint32_t value, const char *at, size_t size) {
   while (size--) value = value >> 8 ^ table[0][(value ^ *at++) & 255];
   return ~value;
 }
+#endif

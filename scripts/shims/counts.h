@@ -1,11 +1,9 @@
 // Counts of requests, and nothing else: one addition for each, in an area of the thread's own, which the reader takes
 // when the process has ended. A free is not seen. (A variable of each thread would do as well, but a thread's start
 // would then request more.)
-#pragma once
+#ifndef COUNTS_H
+#define COUNTS_H
 enum { LOOKS = 4 };  // areas that a thread looks for
-
-// The distances of threads are much alike: so it is no linear function.
-static inline uint64_t mixed_thread(uint64_t thread) { return (thread >> 6 ^ thread >> 21) * 0x9E3779B97F4A7C15ULL; }
 
 // One instruction, so that a handler's addition comes before or after; only this thread adds here.
 static inline void add_own(uint64_t *counter) {
@@ -38,11 +36,8 @@ static void add_shared(const struct place *place, uint64_t counter, uint64_t num
 
 // A request of a thread whose area is not the first that it looks for, and those that come before the file is mapped.
 static __attribute__((noinline, cold)) void count_late(uint64_t counter) {
-  const uint64_t record[] = {MALLOC | counter << 4, SIZE | counter << 4};
   reached = 1;
   if (here->state == UNSTARTED) begin();
-  if (here->state == NESTED && put_in_nest(1 + (counter == LARGE), record)) return;
-  if (here->state == NESTED) leave_nest(1);
   if (here == &at_first && here->state == STARTING) __atomic_fetch_add(&early[counter], 1, __ATOMIC_RELAXED);
   if (here->state != WRITES) return;
   uint64_t *area = take_area(here, own_thread());
@@ -59,11 +54,6 @@ static inline void *request(int kind, void *block, size_t size, const void *fram
   return block;
 }
 
-static void put_all(const uint64_t *records, uint64_t number) {
-  for (uint64_t i = 0; i < number; i++)
-    if ((records[i] & 15) == MALLOC) add_shared(here, records[i] >> 4, 1);
-}
-
 static void put_early(void) {
   for (uint64_t counter = 0; counter < COUNTERS; counter++)
     if (early[counter]) add_shared(here, counter, early[counter]);
@@ -76,3 +66,4 @@ void *realloc(void *block, size_t size) {
   void *moved = TO(realloc)(block, size);
   return inner || !is_free || !moved ? moved : request(MALLOC, moved, size, NULL);
 }
+#endif

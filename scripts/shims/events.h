@@ -1,5 +1,6 @@
 // An event in the text of a timeline, after formats.h.
-#pragma once
+#ifndef EVENTS_H
+#define EVENTS_H
 #include <string.h>
 
 // Its size, LARGEST_SIZE + 1 of a large block, and whether it is a free; -1 where there is none. Goes on to what comes after it.
@@ -12,3 +13,4 @@ static inline int read_event(const char **text, const char *end, int *is_free) {
   if (is_large) return LARGEST_SIZE + 1;
   return at == first || size > LARGEST_SIZE || (*first == '0' && at > first + 1) ? -1 : size;
 }
+#endif

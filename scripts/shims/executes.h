@@ -1,7 +1,8 @@
 // The calls that run another program, in the place of a process or beside it: before each it is asked whether the
 // program can be followed (loadable.h). One that can't is run without the library, and the stream has its name. A child
 // of vfork shares the memory of its parent: what is made here stands on the stack.
-#pragma once
+#ifndef EXECUTES_H
+#define EXECUTES_H
 static char own_name[PATH_MAX];  // the library's, as LD_PRELOAD has it
 
 // How a program is named; the flags are those of execveat.
@@ -74,16 +75,14 @@ static int why_not_now(const struct program *program, const struct own *own) {
 }
 
 // Notes that this process is about to run another program in its own place: one that is followed takes a ring of its
-// own. Where that was noted; null where it was not. Of one that may make no call it is not known whether it is a child of
-// vfork, and the reader looks whether its ring goes on.
-static uint64_t *note_program(const struct own *own, int place) {
+// own. Whether it did. Of one that may make no call it is not known whether it is a child of vfork, and the reader
+// looks whether its ring goes on.
+static int note_program(const struct own *own, int place) {
   struct ring *ring = here->ring;
-  struct nest *nest = here->nest;
-  if (here->state == NESTED && (uint64_t)own->process == nest->process) return nest->executed = 1, &nest->executed;
-  if (here->state != WRITES) return NULL;
-  if (!sealed && (own->process ? (uint64_t)own->process != ring->process : here->process != getpid())) return NULL;
+  if (here->state != WRITES) return 0;
+  if (!sealed && (own->process ? (uint64_t)own->process != ring->process : here->process != getpid())) return 0;
   ring->marked = sealed ? progress_of(ring, COUNTS ? here->records : NULL) + 1 : 0, ring->executed = 1 + place;
-  return &ring->executed;
+  return 1;
 }
 
 // ---- the calls
@@ -108,16 +107,15 @@ static const char *name_of(const struct program *program, char *const words[]) {
 }
 
 static int execute(struct program program, char *const words[], char *const variables[]) {
-  struct own own = {0};
+  struct own own = {0, 0};
   if (!program.path && program.how != BY_DESCRIPTOR) return hand_on(&program, words, variables);
   if (!sealed) read_own(&own);
   int why = why_not_now(&program, &own);
   int place = why && stream ? note_unfollowed(stream, why, name_of(&program, words)) : 0;
   char *kept[why ? number_of_variables(variables) + 1 : 1], text[why ? bytes_of_lists(variables) + 1 : 1];
   if (why) leave_out(variables, kept, text);
-  uint64_t *noted = note_program(&own, place);
-  int status = hand_on(&program, words, why ? kept : variables);
-  if (noted) *noted = 0;
+  int noted = note_program(&own, place), status = hand_on(&program, words, why ? kept : variables);
+  if (noted) here->ring->executed = 0;
   if (place) forget_unfollowed(place);
   return status;
 }
@@ -160,7 +158,7 @@ int execle(const char *path, const char *word, ...) {
 // beside the process
 static int spawn(spawns next_one, int how, pid_t *process, const char *path, const posix_spawn_file_actions_t *actions,
                  const posix_spawnattr_t *attributes, char *const words[], char *const variables[]) {
-  struct own own = {0};
+  struct own own = {0, 0};
   struct program program = {how, AT_FDCWD, path, 0};
   int error = errno;
   if (!sealed) read_own(&own);
@@ -186,3 +184,4 @@ __attribute__((used)) static long execute_by_number(long number, long one, long 
   if (number == SYS_execve) return execve((const char *)one, (char *const *)two, (char *const *)three);
   return execveat(one, (const char *)two, (char *const *)three, (char *const *)four, five);
 }
+#endif

@@ -16,6 +16,7 @@
 // the program runs on, and the notes say why.
 #define _GNU_SOURCE
 #include <dirent.h>
+#include <stddef.h>
 #include <signal.h>
 #include <sys/resource.h>
 #include <sys/wait.h>
@@ -204,8 +205,7 @@ static inline int take_small(struct reading *reading, const uint64_t *records, u
   struct block *block = block_of(address);
   if (most_traced || (is_request ? block->key || blocks.used * 2 > blocks.mask : !block->key || block->size >= LARGE)) return 0;
   if (is_request) {
-    uint32_t number = put_request(size, kind == CALLOC);
-    *block = (struct block){.key = address, .size = size, .number = number}, blocks.used++, reading->requests++;
+    *block = (struct block){address, size, 0, put_request(size, kind == CALLOC)}, blocks.used++, reading->requests++;
     small_event(size, 1);
   } else {
     small_event(block->size, -1);
@@ -213,78 +213,6 @@ static inline int take_small(struct reading *reading, const uint64_t *records, u
     remove_block(block);
   }
   return 1;
-}
-
-// ---- processes that were forked
-
-// a file of a process in /proc
-static FILE *open_of(pid_t process, const char *name) {
-  char path[64];
-  snprintf(path, sizeof path, "/proc/%d/%s", process, name);
-  return process > 0 ? fopen(path, "re") : NULL;
-}
-
-// Whether it has a line, or a word that ends so, with both texts.
-static int tells(pid_t process, const char *name, int end, const char *text, const char *key) {
-  char *line = NULL;
-  size_t room = 0;
-  int has = 0;
-  FILE *file = open_of(process, name);
-  while (file && !has && getdelim(&line, &room, end, file) > 0) has = strstr(line, text) && strstr(line, key);
-  if (file) fclose(file);
-  free(line);
-  return has;
-}
-
-// the number of the stream's file, as a line of the mappings of a process has it
-static const char *inode_text(void) {
-  static char text[64];
-  struct stat status = {0};
-  if (!*text && !fstat(opened, &status)) snprintf(text, sizeof text, " %lu ", (unsigned long)status.st_ino);
-  return text;
-}
-
-// Whether a process has a ring that began later.
-static int has_ring(uint64_t process, uint64_t after) {
-  for (uint64_t k = 0; k < number_of_rings && k < stream->turn; k++)
-    if (stream->rings[k].process == process && stream->rings[k].start > after) return 1;
-  return 0;
-}
-
-// Whether a process is one that asks: the child of one that is followed, or one that has the stream. (In a namespace of
-// processes it does not know its number here.)
-static int is_asker(const struct own *asker) {
-  if (asker->parent > 0 && has_ring(asker->parent, 0)) return 1;
-  return tells(asker->process, "maps", '\n', inode_text(), "/");
-}
-
-// Tells a process whether a filter ends it for its calls.
-static void tell(struct nest *nest) {
-  char path[64];
-  struct own asker;
-  snprintf(path, sizeof path, "/proc/%lu/status", (unsigned long)nest->process);
-  int is_known = read_status(&asker, path) && is_asker(&asker), is_filtered = asker.filters && asker.filters != (long)stream->filters;
-  __atomic_store_n(&nest->told, !is_known ? IS_UNKNOWN : is_filtered ? IS_FILTERED : IS_FREE, __ATOMIC_RELEASE);
-}
-
-static struct nest *end_of_nests(void) { return stream->nests + (stream->most_nests < NESTS ? stream->most_nests : NESTS); }
-
-// Tells those that are untold; how many.
-static int tell_all(void) {
-  int number = 0;
-  for (struct nest *nest = stream->nests; nest < end_of_nests(); nest++)
-    if (__atomic_load_n(&nest->process, __ATOMIC_ACQUIRE) && !nest->told) tell(nest), number++;
-  return number;
-}
-
-// Sleeps so many microseconds, and tells meanwhile who asks: at once while there are some.
-static void rest(unsigned microseconds) {
-  static uint64_t last;
-  while (microseconds) {
-    unsigned often = now() - last < 100 ? 50 : 500, piece = microseconds < often ? microseconds : often;
-    usleep(piece), microseconds -= piece;
-    if (tell_all()) last = now();
-  }
 }
 
 // ---- the rings
@@ -299,27 +227,6 @@ static struct named *named_as(const char *name) {
   return &nowhere;
 }
 
-static uint64_t counted;  // the requests of the processes that have ended
-
-// Notes the requests of a process that has ended.
-static void note_requests(const struct reading *reading, const char *name) {
-  if (is_counting && reading->is_counted) counted += reading->requests;
-  if (!reading->is_main && !reading->is_counted && reading->is_named && reading->requests)
-    notes->others++, notes->other_requests += reading->requests;
-  if (!is_all) named_as(name)->requests += reading->requests;
-}
-
-static void take_nest(struct nest *nest) {
-  uint64_t number = nest->number < NEST ? nest->number : NEST;
-  int is_named = !only || !strncmp(only, nest->name, sizeof nest->name - 1), many = 1;
-  struct reading reading = {.is_named = is_named, .is_counted = is_named && is_all};
-  for (uint64_t i = 0; i < number && !notes->spoiled; i += many > 0 ? many : 1) many = take(&reading, nest->records, i, number);
-  if (!is_all) named_as(nest->name)->processes++;
-  notes->executed += reading.is_counted && nest->executed && !has_ring(nest->process, 0);
-  note_requests(&reading, nest->name);
-  free_nest(nest);
-}
-
 static void begin_ring(int k, uint64_t start) {
   struct ring *ring = &stream->rings[k];
   struct reading *reading = &readings[k];
@@ -327,8 +234,6 @@ static void begin_ring(int k, uint64_t start) {
   if (!records) records = mmap(NULL, words_of_ring * 8, PROT_READ | PROT_WRITE, MAP_SHARED, opened, HEAD + k * words_of_ring * 8);
   if (records == MAP_FAILED) give_up("it has no memory");
   int is_named = !only || !strncmp(only, ring->name, sizeof ring->name - 1);
-  for (struct nest *nest = stream->nests; nest < end_of_nests(); nest++)
-    if (nest->executed && nest->process == ring->process) take_nest(nest);  // of what ran before in its place
   *reading = (struct reading){.records = records, .start = start, .is_named = is_named, .is_counted = is_named && is_all};
   if (is_named) notes->started = 1;
   if (!is_all) named_as(ring->name)->processes++;
@@ -414,7 +319,6 @@ static int look_at_lanes(const struct ring *ring, struct reading *reading) {
 static uint64_t read_lanes(struct ring *ring, struct reading *reading) {
   uint64_t latest = __atomic_load_n(&ring->turns, __ATOMIC_ACQUIRE), more = 0;
   int used = look_at_lanes(ring, reading), l;
-  tell_all();
   if (used < 2) latest = UINT64_MAX;
   reading->is_forced = used < 2 ? 2 : 0;  // of one thread nothing has to wait
   while (more < 1 << 15 && !notes->spoiled && (l = next_lane(reading, latest)) >= 0) {
@@ -460,6 +364,8 @@ static int is_read(int k) {
   return 1;
 }
 
+static uint64_t counted;  // the requests of the processes that have ended
+
 // Takes what the threads of a process have counted; how many requests these are.
 static uint64_t take_counts(int k, int64_t *counts) {
   const struct ring *ring = &stream->rings[k];
@@ -488,8 +394,10 @@ static void clear_ring(int k) {
 }
 
 // What /proc tells of a process after its name, in which there may be anything; null where it is gone.
-static const char *after_name(pid_t process, char *text, size_t bytes) {
-  FILE *file = open_of(process, "stat");
+static const char *after_name(const char *process, char *text, size_t bytes) {
+  char path[64];
+  snprintf(path, sizeof path, "/proc/%.20s/stat", process);
+  FILE *file = fopen(path, "re");
   text[file ? fread(text, 1, bytes - 1, file) : 0] = 0;
   if (file) fclose(file);
   const char *end = strrchr(text, ')');
@@ -497,8 +405,9 @@ static const char *after_name(pid_t process, char *text, size_t bytes) {
 }
 
 static int is_zombie(pid_t process) {  // it has ended, and nobody waits for it
-  char text[1024] = "", state = 0;
-  const char *after = after_name(process, text, sizeof text);
+  char number[24], text[1024] = "", state = 0;
+  snprintf(number, sizeof number, "%d", process);
+  const char *after = after_name(number, text, sizeof text);
   return after && sscanf(after, " %c", &state) == 1 && state == 'Z';
 }
 
@@ -508,27 +417,25 @@ static int is_there(pid_t process) {
 }
 
 // Whether the process of a ring is gone, or runs another program that has a later ring.
-static int is_over(const struct ring *ring) { return !is_there(ring->process) || has_ring(ring->process, ring->start); }
-
-static void note_left(pid_t process) {
-  uint64_t left = __atomic_load_n(&notes->left, __ATOMIC_RELAXED);  // loaded once: a program may overwrite it
-  if (left >= LEFT) return;
-  for (uint64_t k = 0; k < left; k++)
-    if (notes->processes[k] == (uint64_t)process) return;
-  notes->processes[left] = process, notes->left = left + 1;
-}
-
-static void note_running(pid_t process) {
-  if (is_there(process) && !is_zombie(process)) note_left(process);
+static int is_over(int k, int last) {
+  struct ring *ring = &stream->rings[k];
+  if (!is_there(ring->process)) return 1;
+  for (int j = 0; j < last; j++)
+    if (stream->rings[j].process == ring->process && stream->rings[j].start > ring->start) return 1;
+  return 0;
 }
 
 static void end_ring(int k) {
   struct ring *ring = &stream->rings[k];
   struct reading *reading = &readings[k];
   if (is_counting) reading->requests = take_counts(k, reading->is_counted ? all : NULL);
+  if (is_counting && reading->is_counted) counted += reading->requests;
   if (reading->is_main || reading->is_counted) notes->gaps |= ring->overrun;
-  int has_next = has_ring(ring->process, ring->start);
-  if (!(reading->is_main && has_next)) note_requests(reading, ring->name);  // not what ran before in its place
+  else if (reading->is_named && reading->requests) notes->others++, notes->other_requests += reading->requests;
+  int has_next = 0;
+  for (uint64_t j = 0; j < number_of_rings && !has_next; j++)
+    has_next = stream->rings[j].process == ring->process && stream->rings[j].start > ring->start;
+  if (!is_all && !(reading->is_main && has_next)) named_as(ring->name)->requests += reading->requests;  // not what ran before in its place
   int went_on = ring->marked && ring->marked != progress_of(ring, is_counting ? reading->records : NULL) + 1;
   uint64_t executed = went_on ? 0 : ring->executed;
   if (executed && !has_next) {
@@ -537,24 +444,11 @@ static void end_ring(int k) {
   }
   if (reading->is_main && !has_next) main_process = -1;  // another one may get its number
   clear_ring(k);
-  memset(ring->lanes, 0, sizeof ring->lanes), memset(ring->turn, 0, sizeof ring->turn);
+  memset(ring->lanes, 0, sizeof ring->lanes);
   ring->start = ring->turns = ring->areas = ring->overrun = ring->executed = ring->marked = 0;
   memset(ring->name, 0, sizeof ring->name);
   *reading = (struct reading){.records = reading->records};
   __atomic_store_n(&ring->process, 0, __ATOMIC_RELEASE);
-}
-
-// Takes the nests of the processes that have ended, or all; how many there are left.
-static int take_nests(int are_all) {
-  int left = 0;
-  for (struct nest *nest = stream->nests; nest < end_of_nests() && !notes->spoiled; nest++) {
-    uint64_t process = __atomic_load_n(&nest->process, __ATOMIC_ACQUIRE);
-    int is_over = nest->executed ? has_ring(process, 0) || !is_there(process) : nest->told != IS_UNKNOWN && !is_there(process);
-    if (process && are_all) note_running(process);
-    if (process && (is_over || are_all)) take_nest(nest);
-    left += process && !is_over;
-  }
-  return left;
 }
 
 // Reads what is there, by the turns of the rings: one of the same process comes before the next. How many records; and 1 for each ring that
@@ -573,7 +467,7 @@ static uint64_t read_all(void) {
   for (int a = 0; a < number && !notes->spoiled; a++) {
     int k = order[a];
     struct ring *ring = &stream->rings[k];
-    int was_over = is_over(ring);  // before it is read to its end
+    int was_over = is_over(k, last);  // before it is read to its end
     uint64_t number = 1;
     for (int n = 0; n < 64 && number; n++) more += number = read_ring(k);
     if (notes->spoiled) break;
@@ -589,8 +483,9 @@ static uint64_t read_all(void) {
 
 // KiB, as a line of a process's status has them after these words; 0 where it is gone
 static uint64_t kibibytes_of(pid_t process, const char *words) {
-  char line[256];
-  FILE *file = open_of(process, "status");
+  char path[64], line[256];
+  snprintf(path, sizeof path, "/proc/%d/status", process);
+  FILE *file = process > 0 ? fopen(path, "re") : NULL;
   unsigned long kibibytes = 0;
   size_t length = strlen(words);
   while (file && fgets(line, sizeof line, file))
@@ -602,8 +497,10 @@ static uint64_t resident_of(pid_t process) { return kibibytes_of(process, "VmHWM
 
 // Milliseconds for which a process was ready to run and had no processor; 0 where Linux does not count it.
 static uint64_t waited_of(pid_t process) {
+  char path[64];
   unsigned long long nanoseconds = 0;
-  FILE *file = open_of(process, "schedstat");
+  snprintf(path, sizeof path, "/proc/%d/schedstat", process);
+  FILE *file = process > 0 ? fopen(path, "re") : NULL;
   if (file && fscanf(file, "%*u %llu", &nanoseconds) != 1) nanoseconds = 0;
   if (file) fclose(file);
   return nanoseconds / 1000000;
@@ -620,20 +517,15 @@ static void put_clock(void) {
   put_call(CLOCK, last, files);
 }
 
-static void sample_other(const char *name, pid_t process) {
-  struct named *named = named_as(name);
-  uint64_t bytes = resident_of(process) * 1024;
-  if (bytes > named->resident) named->resident = bytes;
-}
-
 // of a few processes that are not followed, what they take at most
 static void sample_others(void) {
   int looked = 0;
-  for (struct nest *nest = stream->nests; nest < end_of_nests() && looked < LOOKED_AT; nest++)
-    if (nest->process) sample_other(nest->name, nest->process), looked++;
   for (uint64_t k = 0; k < number_of_rings && k < stream->turn && looked < LOOKED_AT; k++) {
     if (!stream->rings[k].start || !readings[k].records || readings[k].is_main) continue;
-    sample_other(stream->rings[k].name, stream->rings[k].process), looked++;
+    struct named *named = named_as(stream->rings[k].name);
+    uint64_t bytes = resident_of(stream->rings[k].process) * 1024;
+    if (bytes > named->resident) named->resident = bytes;
+    looked++;
   }
 }
 
@@ -825,7 +717,7 @@ static void begin_wanted(const char *words) {
 // ---- processes that are left
 
 // When a process began, in ticks since the system did; 0 where it is gone.
-static uint64_t began(pid_t process) {
+static uint64_t began(const char *process) {
   char text[1024];
   uint64_t start = 0;
   const char *after = after_name(process, text, sizeof text);
@@ -835,16 +727,38 @@ static uint64_t began(pid_t process) {
   return start;
 }
 
+// Whether a file of a process in /proc has a line, or a word that ends so, with both texts.
+static int tells(const char *process, const char *name, int end, const char *text, const char *key) {
+  char path[64], *line = NULL;
+  size_t room = 0;
+  int has = 0;
+  snprintf(path, sizeof path, "/proc/%.20s/%s", process, name);
+  FILE *file = fopen(path, "re");
+  while (file && !has && getdelim(&line, &room, end, file) > 0) has = strstr(line, text) && strstr(line, key);
+  if (file) fclose(file);
+  free(line);
+  return has;
+}
+
+static void note_left(pid_t process) {
+  uint64_t left = __atomic_load_n(&notes->left, __ATOMIC_RELAXED);  // loaded once: a program may overwrite it
+  if (left >= LEFT) return;
+  for (uint64_t k = 0; k < left; k++)
+    if (notes->processes[k] == (uint64_t)process) return;
+  notes->processes[left] = process, notes->left = left + 1;
+}
+
 // Notes the younger processes that have the stream, or are to open it: a fork that has made no call yet has no ring.
 static void note_holders(void) {
-  char place[64];
-  uint64_t own = began(getpid());
-  DIR *all = *inode_text() ? opendir("/proc") : NULL;
-  snprintf(place, sizeof place, "/proc/%d/fd/%d", getpid(), opened);
+  char inode[64], place[64];
+  struct stat status = {0};
+  uint64_t own = began("self");
+  DIR *all = fstat(opened, &status) ? NULL : opendir("/proc");
+  snprintf(inode, sizeof inode, " %lu ", (unsigned long)status.st_ino), snprintf(place, sizeof place, "/proc/%d/fd/%d", getpid(), opened);
   for (struct dirent *entry; all && (entry = readdir(all));) {
     pid_t process = atoi(entry->d_name);
-    if (process <= 0 || process == getpid() || began(process) < own) continue;
-    if (tells(process, "maps", '\n', "/memfd:mte_stream", inode_text()) || tells(process, "environ", 0, "MTE_STREAM=", place))
+    if (process <= 0 || process == getpid() || began(entry->d_name) < own) continue;
+    if (tells(entry->d_name, "maps", '\n', "/memfd:mte_stream", inode) || tells(entry->d_name, "environ", 0, "MTE_STREAM=", place))
       note_left(process);
   }
   if (all) closedir(all);
@@ -863,13 +777,13 @@ static void follow(void) {
     if (asked) asked = 0, write_texts();
     if (now() - sampled >= SAMPLES) sampled = now(), looks++, sample_resident(), note();
     if (!ended && (child < 0 ? ends != 0 : has_ended)) ended = now();
-    int rings = take_nests(0);
+    int rings = 0;
     for (uint64_t k = 0; k < number_of_rings && !rings; k++) rings = stream->rings[k].process != 0;
     if (has_ended && !more && !rings && !has_looked) has_looked = 1, note_holders();
     if (ended && (is_last || (!more && !rings && !notes->left))) break;
     idle = more ? 0 : idle + 1;
     // some way behind the writers, so that they do not share a line of the cache with the reader; but not far
-    if (more < (ended ? 1 : LANE / 2)) rest(more ? 1000 : idle < 20 ? 200 : 5000);
+    if (more < (ended ? 1 : LANE / 2)) usleep(more ? 1000 : idle < 20 ? 200 : 5000);
   }
 }
 
@@ -897,11 +811,11 @@ int main(int argc, char **argv) {
   if (is_text) return read_timeline(&ends), write_texts(), 0;
   follow();
   if (notes->left) notes->left = 0, note_holders();
-  take_nests(1);
   for (uint64_t k = 0; k < number_of_rings; k++) {
     pid_t process = stream->rings[k].process;
     if (!stream->rings[k].start || notes->spoiled) continue;
-    note_running(process), end_ring(k);
+    if (is_there(process)) note_left(process);
+    end_ring(k);
   }
   stream->closed = 1;
   if (is_counting) notes->requests = counted;

@@ -3,7 +3,9 @@
 //
 // The record: its events, two bytes each, as long as a command takes their text. Then, or from the start where that is wanted, it goes on as
 // a history, a piece of events at a time (moments.h, windows.h). All counts are by places.
-#pragma once
+#ifndef KEPT_H
+#define KEPT_H
+#include <unistd.h>
 #include "windows.h"
 #include "blocks.h"
 #ifdef STACKS
@@ -112,7 +114,21 @@ static void record_event(int place, int is_free) {
 }
 
 // a block comes, or goes
-static inline __attribute__((always_inline)) void place_event(int place, uint64_t size, int by) {
+static void event(uint64_t size, int by) {
+  int counter = counter_of(size), place = place_of(counter);
+  int64_t after = kept.bytes + by * (int64_t)size;
+  if (kept.is_open && after <= kept.most) follow_peak();
+  kept.live[place] += by, kept.bytes = after, kept.events++, kept.requests += by > 0;
+  if (!kept.is_changed[place]) kept.is_changed[place] = 1, kept.changed[kept.changes++] = place;
+  if (after > kept.most) kept.most = after, kept.is_open = 1, kept.peak.at = record_of ? kept.events : kept.requests;
+  if (counter == LARGE && (kept.large += by * (int64_t)size) > kept.most_large) kept.most_large = kept.large;
+  if (number_of_snapshots && by > 0 && !(kept.requests & (kept.spacing - 1))) take_snapshot();
+  if (record_of) record_event(place, by < 0);
+}
+
+// The same of a size below LARGE, with no branch for its place.
+static inline void small_event(unsigned size, int by) {
+  int place = place_of(size);
   int64_t after = kept.bytes + by * (int64_t)size;
   if (kept.is_open && after <= kept.most) follow_peak();
   kept.live[place] += by, kept.bytes = after, kept.events++, kept.requests += by > 0;
@@ -121,15 +137,6 @@ static inline __attribute__((always_inline)) void place_event(int place, uint64_
   if (number_of_snapshots && by > 0 && !(kept.requests & (kept.spacing - 1))) take_snapshot();
   if (record_of) record_event(place, by < 0);
 }
-
-static void event(uint64_t size, int by) {
-  int counter = counter_of(size);
-  if (counter == LARGE && (kept.large += by * (int64_t)size) > kept.most_large) kept.most_large = kept.large;
-  place_event(place_of(counter), size, by);
-}
-
-// The same of a size below LARGE, with no branch for its place.
-static inline void small_event(unsigned size, int by) { place_event(place_of(size), size, by); }
 
 static void begin_kept(void) {
   if (blocks.at) munmap(blocks.at, (blocks.mask + 1) * sizeof *blocks.at);
@@ -180,3 +187,4 @@ static void write_timeline(FILE *to) {
   }
   fwrite(room, 1, end - room, to);
 }
+#endif

@@ -1,13 +1,17 @@
 // Whether a program can be followed: whether this machine's glibc would load the library into it, and nothing ends it
 // for that. Asked before the program is run, by nothing but calls that a loader makes too.
-#pragma once
+#ifndef LOADABLE_H
+#define LOADABLE_H
 #include <elf.h>
 #include <errno.h>
 #include <fcntl.h>
+#include <limits.h>
 #include <link.h>
+#include <string.h>
 #include <sys/auxv.h>
 #include <sys/stat.h>
 #include <sys/xattr.h>
+#include <unistd.h>
 #include "stream.h"
 
 extern const char __ehdr_start[] __attribute__((visibility("hidden")));  // of this object
@@ -18,27 +22,28 @@ enum { INTERPRETER = 256, DEEPEST = 5 };  // bytes of an interpreter's path; scr
 
 // ---- this process
 
-// A process: its number as the reader sees it, since /proc is the reader's, also in a namespace of processes; that of its
-// parent; and the filters of system calls that it is under.
-struct own { long process, parent, filters; };
+// its number as the reader sees it, since /proc is the reader's, also in a namespace of processes; filters of system
+// calls that it is under
+struct own { pid_t process; long filters; };
 
-// Takes a line of a process's status. Linux before 5.9 has no number of filters, and the mode stands for it.
+// Takes a line of /proc/self/status. Linux before 5.9 has no number of filters, and the mode stands for it.
 static void take_status(struct own *own, const char *line) {
-  static const char *const names[] = {"Pid:", "PPid:", "Seccomp:", "Seccomp_filters:"};
-  long *const numbers[] = {&own->process, &own->parent, &own->filters, &own->filters};
-  for (int k = 0; k < 4; k++) {
+  static const char *const names[] = {"Pid:", "Seccomp:", "Seccomp_filters:"};
+  for (int k = 0; k < 3; k++) {
     size_t length = strlen(names[k]);
-    if (!strncmp(line, names[k], length)) *numbers[k] = strtol(line + length, NULL, 10);
+    if (strncmp(line, names[k], length)) continue;
+    long number = strtol(line + length, NULL, 10);
+    if (k) own->filters = number; else own->process = number;
   }
 }
 
-// Whether /proc has a process, by the path of its status. Little stack is taken: it may be a handler's.
-static int read_status(struct own *own, const char *path) {
+// Whether /proc has this process. Little stack is taken: it may be a handler's.
+static int read_own(struct own *own) {
   char read_in[256], line[40];
   size_t length = 0;
   ssize_t number;
-  int opened = open(path, O_RDONLY | O_CLOEXEC);
-  *own = (struct own){0};
+  int opened = open("/proc/self/status", O_RDONLY | O_CLOEXEC);
+  *own = (struct own){0, 0};
   if (opened < 0) return 0;
   while ((number = read(opened, read_in, sizeof read_in)) > 0)
     for (ssize_t i = 0; i < number; i++) {
@@ -51,7 +56,6 @@ static int read_status(struct own *own, const char *path) {
   close(opened);
   return own->process > 0;
 }
-static int read_own(struct own *own) { return read_status(own, "/proc/self/status"); }
 
 // The path of the loader that loaded this process; null where it has none.
 static const char *own_loader(void) {
@@ -152,3 +156,4 @@ static int note_unfollowed(struct stream *stream, int why, const char *path) {
   __atomic_fetch_add(&stream->more_unfollowed, 1, __ATOMIC_RELAXED);
   return UNFOLLOWED + 1;
 }
+#endif

@@ -4,8 +4,11 @@
 // has a counter.
 //
 // A size has a place from 0 on, in the order in which they come: so what is kept of a moment is small.
-#pragma once
+#ifndef MOMENTS_H
+#define MOMENTS_H
 #include <stdio.h>
+#include <stdlib.h>
+#include <string.h>
 #include <sys/mman.h>
 #include "stream.h"
 
@@ -192,3 +195,4 @@ static void write_history(FILE *to) {
     fputc('\n', to);
   }
 }
+#endif

@@ -1,7 +1,8 @@
 // A record for each call, in the thread's lane of this process's ring; a thread that is a lane ahead waits for the reader.
-#pragma once
+#ifndef RECORDS_H
+#define RECORDS_H
 static uint64_t early_next;
-enum { SPINS = 2 };                                     // turns of a spin, before a thread sleeps
+enum { TICKS = 1000, SPINS = 2, PATIENCE = 1 << 23 };  // turns of so many ticks: before a thread sleeps, or at most
 enum { MOST_TURNS = 16 };                                 // of others, until a thread takes a new one
 enum { LAPSE = 20, MOST_LAPSE = 10000 };                  // milliseconds of a sleep, and of all while the reader stands
 
@@ -20,6 +21,14 @@ static uint64_t milliseconds(void) {
   return time.tv_sec * 1000ULL + time.tv_nsec / 1000000;
 }
 
+// Some time, without a call, a clock or a store.
+static void spin(void) {
+#ifdef __x86_64__
+  __builtin_ia32_pause();
+#endif
+  for (int k = 0; k < TICKS; k++) __asm__ volatile("" : : : "memory");
+}
+
 // The reader is a lane behind: waits as long as it goes on, and at most some seconds for each step. Else the stream of this
 // process ends; at once where the reader has. Signals may end many a sleep, so these are not counted but timed.
 static __attribute__((noinline, cold)) int wait_for(struct ring *ring, struct lane *lane, uint64_t last) {
@@ -30,8 +39,8 @@ static __attribute__((noinline, cold)) int wait_for(struct ring *ring, struct la
     if (sleeps) sleep_at(lane, read); else spin();
     uint64_t now = __atomic_load_n(&lane->read, __ATOMIC_ACQUIRE);
     if (now != read) read = now, turns = since = 0;
-    int is_last = since ? milliseconds() - since > MOST_LAPSE : turns > PATIENCE;
-    if (is_last || !stream || is_over() || ring->overrun) {
+    int is_over = !stream || stream->closed || ring->overrun || is_reader_gone(stream);
+    if (is_over || (since ? milliseconds() - since > MOST_LAPSE : turns > PATIENCE)) {
       if (stream) here->state = OFF;
       return ring->overrun = 1, 0;
     }
@@ -53,45 +62,28 @@ static inline uint64_t add(uint64_t *to, uint64_t number, int is_shared) {
 
 // from the last: where the first one is there, all are
 #define RECORDS uint64_t one, uint64_t two, uint64_t three
-static inline __attribute__((always_inline)) void store(const struct place *place, uint64_t lane, uint64_t i,
-                                                        int number, RECORDS) {
-  uint64_t *records = place->records + lane * LANE, mask = LANE - 1;
+static inline __attribute__((always_inline)) void store(const struct place *place, int lane, uint64_t i, int number,
+                                                        RECORDS) {
+  uint64_t *records = place->records + lane * LANE, mask = LANE - 1, stride = (i + number - 1) & -STRIDE;
+  if (stride >= i) {
+    uint64_t turn = __atomic_add_fetch(&place->ring->turns, 1, __ATOMIC_ACQ_REL);
+    place->ring->lanes[lane].turn = turn;
+    __atomic_store_n(&place->records[RING + lane * (LANE / STRIDE) + (stride & mask) / STRIDE], turn, __ATOMIC_RELAXED);
+  }
   if (number > 2) __atomic_store_n(&records[(i + 2) & mask], three, __ATOMIC_RELEASE);
   if (number > 1) __atomic_store_n(&records[(i + 1) & mask], two, __ATOMIC_RELEASE);
   __atomic_store_n(&records[i & mask], one, __ATOMIC_RELEASE);
 }
 
-// Begins a stride of a lane, with a turn of its own, and tells the lanes whose turn is long past.
-static void begin_stride(const struct place *place, int lane, uint64_t at) {
-  struct ring *ring = place->ring;
-  uint64_t turn = __atomic_add_fetch(&ring->turns, 1, __ATOMIC_ACQ_REL);
-  __atomic_store_n(&place->records[RING + lane * (LANE / STRIDE) + (at & (LANE - 1)) / STRIDE], turn, __ATOMIC_RELAXED);
-  ring->turn[lane] = turn, ring->lanes[lane].is_late = 0;
-  for (int k = 0; k < LANES; k++)
-    if (turn > ring->turn[k] + MOST_TURNS && !ring->lanes[k].is_late) ring->lanes[k].is_late = 1;
+static __attribute__((noinline, cold)) void put_late(const struct place *place, int lane, uint64_t i, int number,
+                                                     RECORDS) {
+  struct lane *of = &place->ring->lanes[lane];
+  if (!wait_for(place->ring, of, i + number)) return;
+  of->room = __atomic_load_n(&of->read, __ATOMIC_ACQUIRE) + LANE;
+  store(place, lane, i, number, one, two, three);
 }
 
-// whether a stride begins in records from an index on
-static inline int has_begin(uint64_t i, int number) { return (i - 1) % STRIDE + number >= STRIDE; }
-
-// A thread that puts a record down hands on GIVEN, and gets it back: so it has nothing to keep over what is seldom called.
-// Here it waits for room, and begins the stride that its records reach.
-static __attribute__((noinline)) void *put_late(void *given, const struct place *place, int k, uint64_t i, int number,
-                                                RECORDS) {
-  struct lane *lane = &place->ring->lanes[k];
-  if (i + number > lane->room) {
-    if (!wait_for(place->ring, lane, i + number)) return given;
-    lane->room = __atomic_load_n(&lane->read, __ATOMIC_ACQUIRE) + LANE;
-  }
-  if (has_begin(i, number)) begin_stride(place, k, (i + number - 1) & -STRIDE);
-  return store(place, k, i, number, one, two, three), given;
-}
-
-// The distances of threads are mostly powers of two, or these and a page: so neighbours have lanes of their own, or each
-// second of them.
-static inline uint64_t first_lane(uint64_t thread) {
-  return ((thread >> 12) + 2 * (thread >> 20) + 2 * (thread >> 23)) & (OWN_LANES - 1);
-}
+static inline int first_lane(uint64_t thread) { return mixed_thread(thread) / (UINT64_MAX / OWN_LANES + 1); }
 
 // The lane of this thread, which it takes where it has none; the last where all others are taken.
 static int take_lane(struct ring *ring, uint64_t thread) {
@@ -107,60 +99,53 @@ static int take_lane(struct ring *ring, uint64_t thread) {
 static __attribute__((noinline, cold)) void skip_stride(const struct place *place, int k) {
   struct lane *lane = &place->ring->lanes[k];
   uint64_t i = add(&lane->next, STRIDE, k == OWN_LANES);
-  put_late(NULL, place, k, i, STRIDE, NOTHING, NOTHING, NOTHING);
-  for (uint64_t j = i + 3; j < i + STRIDE && !place->ring->overrun; j++)
-    __atomic_store_n(&place->records[k * LANE + (j & (LANE - 1))], NOTHING, __ATOMIC_RELEASE);
+  if (i + STRIDE > lane->room && !wait_for(place->ring, lane, i + STRIDE)) return;
+  store(place, k, i, STRIDE, NOTHING, NOTHING, NOTHING);
+  for (uint64_t j = i + 3; j < i + STRIDE; j++) __atomic_store_n(&place->records[k * LANE + (j & (LANE - 1))], NOTHING, __ATOMIC_RELEASE);
 }
 
-static inline __attribute__((always_inline)) void *put_in(void *given, const struct place *place, uint64_t k, int number,
-                                                          RECORDS) {
+static inline __attribute__((always_inline)) void put_in(const struct place *place, int k, int number, RECORDS) {
   struct lane *lane = &place->ring->lanes[k];
+  if (__builtin_expect(place->ring->turns - lane->turn > MOST_TURNS, 0)) skip_stride(place, k);
   uint64_t i = add(&lane->next, number, k == OWN_LANES);
-  if (__builtin_expect(i + number > lane->room || has_begin(i, number), 0))
-    return put_late(given, place, k, i, number, one, two, three);
+  if (__builtin_expect(i + number > lane->room, 0)) {
+    put_late(place, k, i, number, one, two, three);
+    return;
+  }
   __builtin_prefetch(&place->records[k * LANE + ((i + 64) & (LANE - 1))], 1);
-  return store(place, k, i, number, one, two, three), given;
+  store(place, k, i, number, one, two, three);
 }
 
-// In whatever lane, after whatever time.
-static __attribute__((noinline)) void *put_elsewhere(void *given, int number, RECORDS) {
-  const struct place *place = here;
-  int k = take_lane(place->ring, own_thread());
-  if (place->ring->lanes[k].is_late) skip_stride(place, k);
-  return put_in(given, place, k, number, one, two, three);
+static __attribute__((noinline)) void put_elsewhere(int number, RECORDS) {
+  put_in(here, take_lane(here->ring, own_thread()), number, one, two, three);
 }
 
-static __attribute__((noinline, cold)) void *put_first(void *given, int number, RECORDS) {
+static __attribute__((noinline, cold)) void put_first(int number, RECORDS) {
   uint64_t all[] = {one, two, three};
   reached = 1;
   if (here->state == UNSTARTED) begin();
-  if (here->state == NESTED && put_in_nest(number, all)) return given;
-  if (here->state == NESTED) leave_nest(1);
   if (here == &at_first && here->state == STARTING)
     for (uint64_t k = 0, i = add(&early_next, number, 1); k < (uint64_t)number; k++) {
       if (i + k < EARLY) early[i + k] = all[k]; else early_ring.overrun = 1;
     }
-  return here->state == WRITES ? put_elsewhere(given, number, one, two, three) : given;
+  if (here->state == WRITES) put_elsewhere(number, one, two, three);
 }
 
-static inline __attribute__((always_inline)) void *put(void *given, int number, RECORDS) {
+static inline __attribute__((always_inline)) void put(int number, RECORDS) {
   const struct place *place = here;
-  if (__builtin_expect(place->state != WRITES, 0)) return put_first(given, number, one, two, three);
+  if (__builtin_expect(place->state != WRITES, 0)) {
+    put_first(number, one, two, three);
+    return;
+  }
   uint64_t thread = own_thread();
-  uint64_t k = first_lane(thread);
-  const struct lane *lanes = place->ring->lanes;
-  if (lanes[k].owner != thread) k ^= 1;
-  if (__builtin_expect(lanes[k].owner != thread || lanes[k].is_late, 0))
-    return put_elsewhere(given, number, one, two, three);
-  return put_in(given, place, k, number, one, two, three);
+  int k = first_lane(thread);
+  if (__builtin_expect(place->ring->lanes[k].owner == thread, 1)) put_in(place, k, number, one, two, three);
+  else put_elsewhere(number, one, two, three);
 }
 
-// Puts down again what stood elsewhere first.
-static void put_all(const uint64_t *records, uint64_t number) {
-  for (uint64_t i = 0; i < number; i++)
-    if (records[i]) put(NULL, 1, records[i], 0, 0);
+static void put_early(void) {
+  for (uint64_t i = 0; i < early_next && i < EARLY; i++) put(1, early[i], 0, 0);
 }
-static void put_early(void) { put_all(early, early_next < EARLY ? early_next : EARLY); }
 
 static inline uint64_t record(int kind, void *block, size_t size) {
   return kind | (size <= LARGEST_SIZE ? size : LARGE) << 4 | (uintptr_t)block >> 3 << ADDRESS;
@@ -170,13 +155,13 @@ static inline uint64_t whole(size_t size) { return SIZE | (size >> 60 ? ~0ULL : 
 // a request, or the begin of a move, from the function with this frame, which is there no more where this is called last
 static inline __attribute__((always_inline)) void *request(int kind, void *block, size_t size, const void *frame) {
   uint64_t stack = HAS_STACKS ? STACK | stack_of(frame) << 4 : 0;
-  (void)frame;
-  if (__builtin_expect(size <= LARGEST_SIZE, 1)) return put(block, 1 + HAS_STACKS, record(kind, block, size), stack, 0);
-  return put(block, 2 + HAS_STACKS, record(kind, block, size), whole(size), stack);
+  if (__builtin_expect(size <= LARGEST_SIZE, 1)) put(1 + HAS_STACKS, record(kind, block, size), stack, 0);
+  else put(2 + HAS_STACKS, record(kind, block, size), whole(size), stack);
+  return block;
 }
 
 void free(void *block) {
-  if (block && !IS_INNER) block = put(block, 1, record(FREE, block, 0), 0, 0);
+  if (block && !IS_INNER) put(1, record(FREE, block, 0), 0, 0);
   TO(free)(block);
 }
 
@@ -185,12 +170,14 @@ void *realloc(void *block, size_t size) {
   if (IS_INNER) return TO(realloc)(block, size);
   if (!block) return request(MALLOC, TO(realloc)(block, size), size, FRAME);
   if (!size) {
-    put(NULL, 1, record(FREE, block, 0), 0, 0);
+    put(1, record(FREE, block, 0), 0, 0);
     void *other = TO(realloc)(block, size);
     return other ? request(MALLOC, other, size, FRAME) : other;
   }
   request(MOVES, block, size, FRAME);
   void *moved = TO(realloc)(block, size);
-  if (size <= LARGEST_SIZE) return put(moved, 2, record(REALLOC, moved, size), record(OLD, block, 0), 0);
-  return put(moved, 3, record(REALLOC, moved, size), record(OLD, block, 0), whole(size));
+  if (size <= LARGEST_SIZE) put(2, record(REALLOC, moved, size), record(OLD, block, 0), 0);
+  else put(3, record(REALLOC, moved, size), record(OLD, block, 0), whole(size));
+  return moved;
 }
+#endif

@@ -330,7 +330,7 @@ static int reach_words(uint64_t number) {
   while (more.number < number) more.number *= 2;
   if (more.number == words.number) return 1;
   int error = errno;
-  more.at = is_silent() ? MAP_FAILED : mremap(words.at, 0, more.number * 8, MREMAP_MAYMOVE);
+  more.at = sealed ? MAP_FAILED : mremap(words.at, 0, more.number * 8, MREMAP_MAYMOVE);
   errno = error;
   if (more.at == MAP_FAILED) return 0;
   __atomic_store_n(&words.at, more.at, __ATOMIC_RELEASE);

@@ -11,10 +11,12 @@
 // process is left untouched where its allocator can't be followed, and the stream names the file that has it.
 #define _GNU_SOURCE
 #include <dlfcn.h>
-#include <pthread.h>
 #include <spawn.h>
 #include <stdarg.h>
+#include <stddef.h>
 #include <stdio.h>
+#include <stdlib.h>
+#include <string.h>
 #include <sys/mman.h>
 #include <sys/prctl.h>
 #include <time.h>
@@ -28,7 +30,6 @@
 #define COUNTS 0
 #endif
 static volatile int sealed;  // whether the process gave up system calls: a fork can't open the file
-WITH_STACKS(static int is_silent(void);)
 #ifdef STACKS
 #include "stacks.h"
 #define FRAME __builtin_frame_address(0)
@@ -68,14 +69,11 @@ static __attribute__((noinline, cold)) void find(void) {
 // Where this process writes. `here` is on a page that a forked child sees empty, however it is forked; a child of vfork shares the heap,
 // and so the ring. What comes before the file is mapped is early.
 enum { EARLY = 1 << 15, RING_WORDS = COUNTS ? COUNTING_RING : WORDS_OF_RING };  // of what is early, and of a ring
-enum { UNSTARTED, STARTING, NESTED, WRITES, OFF };
-struct place { struct ring *ring; uint64_t *records; int state; pid_t process; struct nest *nest; };
+enum { UNSTARTED, STARTING, WRITES, OFF };
+struct place { struct ring *ring; uint64_t *records; int state; pid_t process; };
 static uint64_t early[EARLY];
 static struct ring early_ring;
-static struct place at_first = {&early_ring, early, STARTING, 0, NULL}, *here = &at_first;
-
-// Whether the process may make no call, as far as is known.
-WITH_STACKS(static int is_silent(void) { return sealed || here->state == NESTED; })
+static struct place at_first = {&early_ring, early, STARTING, 0}, *here = &at_first;
 
 static char file[PATH_MAX];  // as MTE_STREAM has it
 static int is_service;       // whether something else than the reader started the program
@@ -115,7 +113,7 @@ static int take_ring(int opened, uint64_t process) {
     }
     madvise(records, bytes, MADV_DONTDUMP);
     strncpy(ring->name, program_invocation_short_name, sizeof ring->name - 1);
-    mapped = records, *here = (struct place){ring, records, STARTING, getpid(), here->nest};
+    mapped = records, *here = (struct place){ring, records, STARTING, getpid()};
     __atomic_store_n(&ring->start, __atomic_add_fetch(&stream->turn, 1, __ATOMIC_ACQ_REL), __ATOMIC_RELEASE);
     return 1;
   }
@@ -168,66 +166,16 @@ static int begin_ring(int opened, const struct own *own) {
   return wipes && !stream->closed && take_ring(opened, own->process);
 }
 
-enum { TICKS = 1000, PATIENCE = 1 << 23 };  // of a spin, and how many of these a thread waits at most
-
-// Some time, without a call, a clock or a store.
-static void spin(void) {
-#ifdef __x86_64__
-  __builtin_ia32_pause();
-#endif
-  for (int k = 0; k < TICKS; k++) __asm__ volatile("" : : : "memory");
-}
-
-static int is_over(void) { return stream->closed || is_reader_gone(stream); }
-
-// The number of this process, by what the C library has of its thread: the owner of a lock.
-static uint64_t number_of_process(void) {
-  pthread_mutex_t lock = PTHREAD_RECURSIVE_MUTEX_INITIALIZER_NP;
-  pthread_mutex_lock(&lock);
-  return lock.__data.__owner;
-}
-
-// Takes the first nest that is free, where there is one.
-static struct nest *take_nest(void) {
-  uint64_t own = number_of_process(), none = 0, most = __atomic_load_n(&stream->most_nests, __ATOMIC_RELAXED);
-  for (uint64_t k = 0; k < NESTS; k++, none = 0) {
-    struct nest *nest = &stream->nests[k];
-    if (nest->process || !__atomic_compare_exchange_n(&nest->process, &none, own, 0, __ATOMIC_ACQ_REL, __ATOMIC_RELAXED)) continue;
-    strncpy(nest->name, program_invocation_short_name, sizeof nest->name - 1);
-    while (most <= k && !__atomic_compare_exchange_n(&stream->most_nests, &most, k + 1, 0, __ATOMIC_RELEASE, __ATOMIC_RELAXED)) continue;
-    return nest;
-  }
-  return NULL;
-}
-
-// Whether there was room for records in the nest.
-static int put_in_nest(int number, const uint64_t *records) {
-  struct nest *nest = here->nest;
-  if (nest->told == IS_UNKNOWN) return 0;
-  uint64_t i = __atomic_fetch_add(&nest->number, number, __ATOMIC_RELAXED);
-  if (i + number > NEST) return 0;
-  while (number--) __atomic_store_n(&nest->records[i + number], records[number], __ATOMIC_RELEASE);
-  return 1;
-}
-
-// What the reader tells; UNTOLD where it is gone.
-static uint64_t wait_for_told(const struct nest *nest) {
-  uint64_t told = UNTOLD;
-  for (long turns = 0; !told && !is_over() && turns < PATIENCE; turns++) {
-    told = __atomic_load_n(&nest->told, __ATOMIC_ACQUIRE);
-    if (!told) spin();
-  }
-  return told;
-}
-
 static int is_elsewhere(void) { return is_service && stream->space != own_space(); }
 
-// Takes a ring, where that can be. What is called first the loader has called too, and more only where the process is under
-// no filter that could end it for that. A call that comes meanwhile, from a handler or another thread, is not recorded.
-static void go_on(int is_told) {
-  int error = errno, opened = -1, taken = 0, is_fork = stream != NULL;
+// At the start, and in a forked child. A call that comes meanwhile, from a handler or another thread, is not recorded.
+// What is called first the loader has called too, and more only where the process is under no filter that could end it
+// for that.
+static void begin(void) {
+  int error = errno, unstarted = UNSTARTED, opened = -1, taken = 0, is_fork = stream != NULL;
   struct own own;
-  int is_known = is_told && !sealed && read_own(&own);
+  if (!__atomic_compare_exchange_n(&here->state, &unstarted, STARTING, 0, __ATOMIC_ACQUIRE, __ATOMIC_RELAXED)) return;
+  int is_known = !sealed && read_own(&own);
   sealed |= is_fork && is_known && is_under_seccomp(&own);
   if (is_fork && (sealed || !is_known)) {
     refuse(sealed ? SEALED : NO_FILE);
@@ -244,39 +192,6 @@ static void go_on(int is_told) {
   }
   __atomic_store_n(&here->state, taken ? WRITES : OFF, __ATOMIC_RELEASE);
   errno = error;
-}
-
-static int is_now(int state, int next) {
-  return __atomic_compare_exchange_n(&here->state, &state, next, 0, __ATOMIC_ACQUIRE, __ATOMIC_RELAXED);
-}
-
-// At the start, and in a forked child, which has a nest first.
-static void begin(void) {
-  if (!is_now(UNSTARTED, STARTING)) return;
-  struct nest *nest = stream && !sealed ? take_nest() : NULL;
-  here->nest = nest;
-  if (nest) __atomic_store_n(&here->state, NESTED, __ATOMIC_RELEASE); else go_on(1);
-}
-
-static void put_all(const uint64_t *records, uint64_t number);
-
-// Goes on from the nest to a ring, with what is in it; the process may have set a filter since it was told. A child of vfork
-// leaves the nest to its parent.
-static void leave_nest(int is_own) {
-  struct nest *nest = here->nest;
-  if (!is_now(NESTED, STARTING)) return;
-  if (!sealed) __atomic_store_n(&nest->told, UNTOLD, __ATOMIC_RELEASE);
-  uint64_t told = sealed ? IS_FILTERED : wait_for_told(nest);
-  if (!is_own && told != UNTOLD && told != IS_FILTERED && (uint64_t)getpid() != nest->process) {
-    __atomic_store_n(&here->state, NESTED, __ATOMIC_RELEASE);
-    return;
-  }
-  sealed |= told == IS_FILTERED, go_on(told != UNTOLD);
-  uint64_t number = nest->number < NEST ? nest->number : NEST;
-  for (uint64_t i = 0, turns = 0; i + 2 < number && turns < 2 * NEST; turns++)  // other threads may be about to store theirs
-    if (nest->records[i]) i++; else spin();
-  if (here->state == WRITES) put_all(nest->records, number);
-  free_nest(nest);
 }
 
 // Another allocator may call its own functions by their public names, also as the last thing that it does: that is no request of the
@@ -302,6 +217,9 @@ static inline uint64_t own_thread(void) {
   return (uintptr_t)__builtin_thread_pointer();
 #endif
 }
+
+// The distances of threads are much alike: so it is no linear function.
+static inline uint64_t mixed_thread(uint64_t thread) { return (thread >> 6 ^ thread >> 21) * 0x9E3779B97F4A7C15ULL; }
 
 #if COUNTS
 #include "counts.h"
@@ -350,26 +268,19 @@ int posix_memalign(void **result, size_t alignment, size_t size) {
 // A process may give up system calls: from then on none of its forks may make one for us. On x86-64 that is seen of `syscall` too, which is
 // here as glibc has it: it can't go on to that by a frame of its own, since some calls come back twice, or on another
 // stack. What runs another program goes on as execve.
-static void give_up_calls(void) {
-  leave_nest(0), sealed = 1;
-}
 int prctl(int option, ...) {
   va_list more;
   va_start(more, option);
   unsigned long words[4];
   for (int i = 0; i < 4; i++) words[i] = va_arg(more, unsigned long);
   va_end(more);
-  if (option == PR_SET_SECCOMP) give_up_calls();
+  if (option == PR_SET_SECCOMP) sealed = 1;
   return plain_syscall(SYS_prctl, option, words[0], words[1], words[2], words[3]);
 }
 #ifdef __x86_64__
-__attribute__((used)) static long give_up_by_number(long number, long one, long two, long three, long four, long five) {
-  give_up_calls();
-  return plain_syscall(number, one, two, three, four, five);
-}
 __asm__(".globl syscall\n.type syscall, @function\nsyscall:\n"
         "  cmpl $59, %edi\n  je execute_by_number\n  cmpl $322, %edi\n  je execute_by_number\n"  // execve, execveat
-        "  cmpl $317, %edi\n  je give_up_by_number\n"  // seccomp
+        "  cmpl $317, %edi\n  jne plain_syscall\n  movl $1, sealed(%rip)\n"  // seccomp
         ".hidden plain_syscall\n.globl plain_syscall\nplain_syscall:\n"
         "  movq %rdi, %rax\n  movq %rsi, %rdi\n  movq %rdx, %rsi\n  movq %rcx, %rdx\n  movq %r8, %r10\n  movq %r9, %r8\n"
         "  movq 8(%rsp), %r9\n  syscall\n  cmpq $-4095, %rax\n  jae 2f\n  ret\n"
@@ -412,14 +323,20 @@ static int calls_otherwise(struct dl_phdr_info *object, size_t size, void *of) {
   }
   if ((uintptr_t)of - part.from < part.bytes) return allocator = part, 0;
   if (!dynamic || !strcmp(object->dlpi_name, "linux-vdso.so.1")) return 0;
-  uintptr_t found[DT_NUM] = {0};  // by the tags
-  for (; dynamic->d_tag != DT_NULL; dynamic++)
-    if (dynamic->d_tag > 0 && dynamic->d_tag < DT_NUM) found[dynamic->d_tag] = dynamic->d_un.d_ptr;
-#define IN_OBJECT(tag) (found[tag] ? found[tag] + (found[tag] < object->dlpi_addr ? object->dlpi_addr : 0) : 0)
-  const ElfW(Sym) *symbols = (const void *)IN_OBJECT(DT_SYMTAB);
-  const char *strings = (const char *)IN_OBJECT(DT_STRTAB);
-  const ElfW(Rela) *bound[] = {(const void *)IN_OBJECT(DT_RELA), (const void *)IN_OBJECT(DT_JMPREL)};  // they name the symbols that it uses
-  const size_t bytes[] = {found[DT_RELASZ], found[DT_PLTRELSZ]};
+  const ElfW(Sym) *symbols = NULL;
+  const char *strings = NULL;
+  const ElfW(Rela) *bound[2] = {NULL, NULL};  // the relocations name the symbols that the object uses
+  size_t bytes[2] = {0, 0};
+  for (; dynamic->d_tag != DT_NULL; dynamic++) {
+    uintptr_t bias = dynamic->d_un.d_ptr < object->dlpi_addr ? object->dlpi_addr : 0;
+    const void *at = (const void *)(dynamic->d_un.d_ptr + bias);
+    if (dynamic->d_tag == DT_SYMTAB) symbols = at;
+    if (dynamic->d_tag == DT_STRTAB) strings = at;
+    if (dynamic->d_tag == DT_RELA) bound[0] = at;
+    if (dynamic->d_tag == DT_RELASZ) bytes[0] = dynamic->d_un.d_val;
+    if (dynamic->d_tag == DT_JMPREL) bound[1] = at;
+    if (dynamic->d_tag == DT_PLTRELSZ) bytes[1] = dynamic->d_un.d_val;
+  }
   for (int k = 0; symbols && strings && k < 2; k++)
     for (size_t i = 0; bound[k] && i < bytes[k] / sizeof(ElfW(Rela)); i++) {
       const ElfW(Sym) *symbol = symbols + ELF64_R_SYM(bound[k][i].r_info);

@@ -2,13 +2,12 @@
 //
 // The file: a table of rings, and then their records. A process takes a ring at its start, and a forked child one of its own at its first
 // call; a record is 8 bytes. The reader makes records 0 behind itself, and gives the ring of a process that has ended to the next.
-#pragma once
+#ifndef STREAM_H
+#define STREAM_H
 #include <limits.h>
 #include <linux/futex.h>
-#include <stddef.h>
 #include <stdint.h>
 #include <stdlib.h>
-#include <string.h>
 #include <sys/syscall.h>
 #include <unistd.h>
 #include "formats.h"
@@ -30,12 +29,12 @@ enum { HAS_STACKS = 0 };
 enum { OWN_LANES = 8, LANES, LANE = 1 << (HAS_STACKS ? 16 : 14), STRIDE = 32, RING = LANES * LANE };
 enum { WHOLE_PAGES = 1 << 13, WORDS_OF_RING = (RING + RING / STRIDE + WHOLE_PAGES - 1) & -WHOLE_PAGES };  // of the largest pages
 struct lane {
-  uint64_t next __attribute__((aligned(128)));  // the next index: one addition for each event
-  uint64_t owner;                               // the thread, 0 where there is none
-  uint64_t room;                                // up to where there was room when the thread last looked
-  uint64_t is_late;                             // whether others made many calls since its last stride began
-  uint64_t read __attribute__((aligned(64)));   // what is before it was read, and is 0 again
-  uint64_t waits;                               // whether a thread sleeps until the reader goes on
+  uint64_t next __attribute__((aligned(64)));  // the next index: one addition for each event
+  uint64_t owner;                              // the thread, 0 where there is none
+  uint64_t room;                               // up to where there was room when the thread last looked
+  uint64_t turn;                               // of its last stride
+  uint64_t read __attribute__((aligned(64)));  // what is before it was read, and is 0 again
+  uint64_t waits;                              // whether a thread sleeps until the reader goes on
 };
 // Where requests are but counted, a ring has no records but areas, with a counter for each size and the thread that
 // adds there; the last is for all that find none. `areas` has a bit for each area that is used.
@@ -44,8 +43,7 @@ enum { AREA = 1 << SIZE_BITS, AREAS = 32, OWNER = AREA - 1, COUNTING_RING = AREA
 enum { NO_RING, NO_MEMORY, NO_FILE, SEALED, NO_ROOM, REASONS };
 
 struct ring {
-  uint64_t turns __attribute__((aligned(128)));  // how often a thread began a stride of its lane
-  uint64_t turn[LANES];                          // of the last stride of each
+  uint64_t turns __attribute__((aligned(64)));  // how often a thread began a stride of its lane
   struct lane lanes[LANES];
   uint64_t start, process;                     // 0 or its turn; the process, 0 where the ring is free
   uint64_t areas;                              // where requests are but counted
@@ -58,17 +56,6 @@ struct ring {
 // A program that is not followed, with the reason of loadable.h, and how often it was run.
 enum { UNFOLLOWED = 16 };
 struct unfollowed { uint64_t key, why, number; char name[40]; };
-// What a process that was forked has called so far, as records. It may make no call before it knows that no filter of system
-// calls ends it for that: so it writes here first, without one, and the reader tells it. Where it ends before it has more
-// than there is room for, the reader takes what is here.
-enum { NESTS = 256, NEST = 505 };
-enum { UNTOLD, IS_FREE, IS_FILTERED, IS_UNKNOWN };
-struct nest {
-  uint64_t process, told, number;  // the process, 0 where the nest is free; how many records it has, or wanted to have
-  uint64_t executed;               // as of a ring
-  char name[24];
-  uint64_t records[NEST];
-};
 struct stream {
   uint64_t form, reader, found; // the reader's process, and its descriptor of what it found
   uint64_t space;               // the reader's namespace of processes
@@ -81,10 +68,8 @@ struct stream {
   uint64_t foreign;             // how many have another one than glibc's that is followed
   char allocator[NAME];         // the file that has the allocator of the last process that has another one
   uint64_t filters;             // of system calls that the reader is under
-  uint64_t most_nests;          // how many were ever in use at once
   uint64_t more_unfollowed;     // programs that are not followed, and have no place here
   struct unfollowed unfollowed[UNFOLLOWED];
-  struct nest nests[NESTS];
   uint64_t stacks;              // where the stacks are in the file, 0 where none are wanted
   struct ring rings[RINGS];
 };
@@ -104,11 +89,6 @@ struct stacks {
   struct kept_stack place[STACKS_MOST];
   uint64_t words[STACK_WORDS] __attribute__((aligned(LARGEST_PAGE)));  // of a stack: the image and how many addresses, and these
 };
-static inline void free_nest(struct nest *nest) {
-  memset(&nest->told, 0, sizeof *nest - offsetof(struct nest, told));
-  __atomic_store_n(&nest->process, 0, __ATOMIC_RELEASE);
-}
-
 static inline int is_reader_gone(const struct stream *stream) {
   uint32_t word = __atomic_load_n(&stream->alive, __ATOMIC_ACQUIRE);
   return !(word & FUTEX_TID_MASK) || word & FUTEX_OWNER_DIED;
@@ -131,5 +111,6 @@ static inline uint64_t own_space(void) {
   return readlink("/proc/self/ns/pid", text, sizeof text - 1) > 5 ? strtoull(text + 5, NULL, 10) : 0;
 }
 
-static const uint64_t FORM = 0x344D4145525453;
+static const uint64_t FORM = 0x334D4145525453;
 enum { HEAD = (sizeof(struct stream) + LARGEST_PAGE - 1) & -LARGEST_PAGE };
+#endif

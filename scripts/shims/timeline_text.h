@@ -1,5 +1,6 @@
 // Reads a timeline of any length on standard input, as if its events came from a stream.
-#pragma once
+#ifndef TIMELINE_TEXT_H
+#define TIMELINE_TEXT_H
 #include <signal.h>
 #include "kept.h"
 #include "events.h"
@@ -31,3 +32,4 @@ static void read_timeline(const volatile sig_atomic_t *ends) {
   }
   if (ferror(stdin)) give_up("it can't be read");
 }
+#endif

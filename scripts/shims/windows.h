@@ -4,7 +4,8 @@
 //
 // Where there are twice as many windows as are wanted, neighbours are joined until these are left: those first whose join raises the peaks of
 // some tables least, and of these those that differ least. (Two that differ little may still add up the peaks of two sizes.)
-#pragma once
+#ifndef WINDOWS_H
+#define WINDOWS_H
 #include "moments.h"
 
 #ifndef IN_WINDOW
@@ -135,3 +136,4 @@ static void keep_piece(uint16_t *piece, int number) {
     windows.left -= many, add_part(window, piece + i, many);
   }
 }
+#endif

@@ -46,12 +46,10 @@ static void on_request(int number) { (void)number, request(1); }
 static void *in_thread(void *unused) { return request(50), unused; }
 static void *executes(void *unused) { return execl(self, self, "plain", NULL), unused; }
 
-enum { MANY = 2000 };   // requests, for which a fork needs the stream's file
-static int of_fork = 1;  // how many each makes
 static void forks(int times, int depth) {
   for (int i = 0; i < times; i++) {
     if (!fork()) {
-      request(of_fork);
+      request(1);
       if (depth > 1) forks(times, depth - 1);
       _exit(0);
     }
@@ -113,7 +111,7 @@ int main(int words, char **word) {
   if (IS("no memory")) {
     request(2);
     if (limit(RLIMIT_AS, 0)) return 1;
-    of_fork = MANY, forks(5, 1);
+    forks(5, 1);
   }
   if (IS("small files")) return limit(RLIMIT_FSIZE, 10) || (request(5), forks(2, 1), 0);
   if (IS("storm")) forks(1000, 1);
@@ -145,11 +143,11 @@ int main(int words, char **word) {
   }
   if (IS("chroot")) {
     if (chroot("/tmp") || chdir("/")) return 1;
-    request(2), of_fork = MANY, forks(3, 1);
+    request(2), forks(3, 1);
   }
   if (IS("setuid")) {
     if (setuid(64998)) return 1;
-    request(2), of_fork = MANY, forks(3, 1);
+    request(2), forks(3, 1);
   }
   if (IS("setuid executes")) {
     if (setuid(64998)) return 1;

@@ -55,7 +55,7 @@ REFUSED = (
     (2, "no process that --only could name", "jemalloc", "--only", "ls", "--read", "a.history"),
     (2, "no malloc of a program: give a record of what the kernel requests of it, by --read", "kmalloc", "ls"),
     (2, "which a timeline can't say: give a history or a profile", "kmalloc", "--read", "a.timeline"),
-    (2, "a number from 1 to 32 for jemalloc 5.3.0, and not 33", "jemalloc", "--limit", "33", "--read", "a.history"),
+    (2, "a number from 1 to 28 for jemalloc 5.3.0, and not 29", "jemalloc", "--limit", "29", "--read", "a.history"),
     (2, "a number from 2 to 64 for Go 1.19, and not 1", "go", "--limit", "1", "--read", "a.history"),
     (2, "takes a number from 1 to 64, and not 0", "jemalloc", "--limit", "0", "--read", "a.history"),
     (2, "takes sizes as 16,32,48, and not 16;32", "jemalloc", "--against", "16;32", "--read", "a.history"),
@@ -287,6 +287,14 @@ class Command(commands.Commands):
         begins = text.startswith("small.profile in jemalloc 5.3.0, blocks above 8 and up to 4,096 bytes Table sizes")
         none = "Nothing to gain: jemalloc 5.3.0 as it is takes 0.4 KiB, and with other sizes 0.4 KiB."
         expect("nothing to gain", begins and none in text and "To build" not in text, text)
+        self.write("large.profile", "1030 4000\n3000 900\n")
+        for name in ("jemalloc", "aset"):
+            text = self.tune(name, "--read", "large.profile")
+            expect(f"{name}: a profile has no moments", "No saving is predicted: one moment does not show" in text and "Predicted" not in text, text)
+        every = "".join(f"{size} 1000\n" for size in range(16, 4097, 16))
+        self.write("every.profile", every)
+        text = self.tune("jemalloc", "--limit", "27", "--read", "every.profile")
+        expect("the table that is built has 28 sizes", re.search(r"with 28 sizes, as there have to be +28 ", text), text)
         self.write("falls.history", "snapshots 2\n1030 4000 0\n3000 0 900\n")
         text = self.tune("jemalloc", "--read", "falls.history")
         none = "No saving is predicted: blocks of the sizes peak at different moments"

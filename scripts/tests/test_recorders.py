@@ -541,11 +541,11 @@ class Recorders(commands.Commands):
             self.runs(3, "", "profile_program", "--read", file)
             expect(f"profile_program --read {file}: bytes of it are not printed", self.err.replace("\n", "").isprintable(), self.err)
         self.write("text", "one line of text, and no stream\n")
-        self.write("left", b"STREAM4\0" + (1 << 40).to_bytes(8, "little") + bytes(8192))  # its reader was killed
+        self.write("left", b"STREAM3\0" + (1 << 40).to_bytes(8, "little") + bytes(8192))  # its reader was killed
         for file in ("text", "left"):
             self.runs(3, "", "profile_program", "--read", file)
             self.says("is no stream, or nobody follows it")
-        self.write("random", b"STREAM4\0" + os.getpid().to_bytes(8, "little") + os.urandom(8192))
+        self.write("random", b"STREAM3\0" + os.getpid().to_bytes(8, "little") + os.urandom(8192))
         self.runs(3, "", "profile_program", "--read", "random")
         self.says("nobody follows it")
         self.runs(3, "", "profile_program", "--follow", "random")
@@ -559,7 +559,7 @@ class Recorders(commands.Commands):
         """A file that names a process which does not follow it: that gets no signal. The file is no link."""
         waits = self.started("./waits", until="waiting")
         maps = self.path("waits")
-        heads = (b"STREAM4\0", waits.pid), (b"STREAM4\0", 0), (b"STREAM4\0", 1 << 63), (b"x" * 8, waits.pid)
+        heads = (b"STREAM3\0", waits.pid), (b"STREAM3\0", 0), (b"STREAM3\0", 1 << 63), (b"x" * 8, waits.pid)
         for at, (form, reader) in enumerate(heads):
             for path in (maps[:-1], self.path(f"forged{at}")):  # the first is a part of one that the process has
                 self.write(path, form + reader.to_bytes(8, "little") + bytes(8192))
@@ -694,7 +694,7 @@ class Recorders(commands.Commands):
 
     def compare_full_stream(self, small: str) -> None:
         """A service whose stream has room for one process."""
-        subprocess.run(["mount", "-o", "remount,size=4m", small], check=True)
+        subprocess.run(["mount", "-o", "remount,size=3m", small], check=True)
         given = self.followed("small/stream")
         self.ends(0, "abc", "sh", "-c", "./linked; :", **given)
         expect("a stream that is full: nothing is said to the service", not self.err, self.err)

@@ -4,7 +4,7 @@
 // by WAY PATH WORD..     runs another program: `execve` to `syscallat` in its own place, the others beside it
 // allows PATH WORD..     the same under a filter that ends a process for every call that `plain` does not make alone
 // any PATH WORD..        the same under a filter that allows all
-// forks [NUMBER]         gives up, by no function of the C library, calls that no loader makes; and forks
+// forks                  gives up, by no function of the C library, calls that no loader makes; and forks
 #define _GNU_SOURCE
 #include <fcntl.h>
 #include <linux/filter.h>
@@ -107,7 +107,7 @@ int main(int words, char **word) {
     request(3);
     if (set_calls(given_up, sizeof given_up / sizeof *given_up, 0, 1)) return 7;
     pid_t process = fork();
-    if (!process) request(words > 2 ? atoi(word[2]) : 5), _exit(0);
+    if (!process) request(5), _exit(0);
     return ended(process);
   }
   request(10);

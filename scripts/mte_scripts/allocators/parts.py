@@ -111,7 +111,7 @@ def fit_part(part: Part, text: bytes, limit: int, record: Record) -> PartFit:
 def fit_parts(model: Model, record: Record, budget: int) -> "list[PartFit]":
     """The tables of the parts, which have so many block sizes at most together."""
     parts = [Part(model, low, top) for low, top in zip(model.ends, model.ends[1:])]
-    fewest, most = sum(len(part.held) for part in parts), MOST_CLASSES * len(parts)
+    fewest, most = sum(len(part.held) for part in parts), model.exact + 1 if model.exact else MOST_CLASSES * len(parts)
     if not fewest <= budget <= most:
         raise Refusal(2, f"--limit takes a number from {fewest} to {most} for {model.title}, and not {budget}")
     texts = [part.text(record) for part in parts]

@@ -24,6 +24,10 @@ class Record:
     def digest(self) -> str:
         return hashlib.sha256(self.data).hexdigest()
 
+    def has_one_moment(self) -> bool:
+        """Whether it has no order of time, as a profile has none."""
+        return self.kind != "timeline" and all(len(counts) == 1 for counts in self.counts.values())
+
     def events(self) -> "Iterator[list[bytes]]":
         """The events of a timeline, in pieces."""
         for piece in count_texts.whole_lines(io.BytesIO(self.data[self.data.find(b"\n") + 1 :]), self.name, b""):

@@ -1,6 +1,7 @@
 """Finds block sizes for an allocator with size classes. `tune_allocator --help` says all."""
 
 import argparse
+import contextlib
 import os
 import re
 import sys
@@ -149,7 +150,8 @@ def tune_allocator(words: "list[str]") -> int:
         answer = answer_record(options, record)
     except BaseException:
         if place:
-            os.rmdir(options.output)  # there is nothing in it
+            with contextlib.suppress(OSError):  # where the program has put something into it, or taken it away
+                os.rmdir(options.output)
         raise
     line = ",".join(map(str, answer.sizes)) + "\n"
     if place:
@@ -184,7 +186,7 @@ def answer_record(options: Options, record: Record) -> Answer:
     sizes = parts.filled_sizes(model, fitted, record) if model.exact else fitted
     name = fits[0].claim.table() if len(fits) == 1 else "fitted"
     tables = [table_of(each, which, fits, record) for each, which in ((f"{model.title} as it is", own), (name, fitted))]
-    if len(sizes) > len(fitted):
+    if model.exact and len(sizes) + 1 > len(fitted):  # the largest stays, and is none of them
         tables.append(table_of(f"with {model.exact + 1} sizes, as there have to be", sizes, fits, record))
     built = tables[-1]
     if options.against:
@@ -229,6 +231,8 @@ def prediction(answer: Answer) -> str:
     saved, *amounts = map(figures.kibibytes, (answer.saved(), own.live, own.taken, built.live, built.taken))
     if not figures.helps(answer.saved(), own.taken):
         return f"Nothing to gain: {title} as it is takes {amounts[1]}, and with other sizes {amounts[3]}."
+    if answer.record.has_one_moment():
+        return f"No saving is predicted: one moment does not show whether the program grows. If all that is counted is live at once, {saved} less."
     if answer.model.keeps_empty:
         return f"Predicted: {saved} less. What blocks of one size have taken, no other size gets."
     live = "Live at one moment are {} of {}, and {} of {}.".format(*amounts)

@@ -10,13 +10,12 @@ import os
 import re
 import shutil
 import subprocess
-import tempfile
 import textwrap
 from collections.abc import Callable, Iterable, Sequence
 from typing import Any, NamedTuple, Union
 from pathlib import Path
 
-from mte_scripts import formats
+from mte_scripts import formats, private_folder
 from mte_scripts.formats import CODES, COMMANDS, ENDS, LIBRARY_CODES, LIBRARY_OPTIONS, OPTIONS, TOTALS
 from mte_scripts.formats import Command, Option, Total, in_code
 from mte_scripts.gate import statements
@@ -508,7 +507,7 @@ def count_totals() -> "list[list[str]]":
         return [read_totals("crates/mte_tool/stdout", TOTALS_IN_TEXT), read_totals("README.md", TOTALS_IN_README)]
     session, trace = re.findall(r"\$ scripts/mte_tool (run .*) < (examples/\S+)", read("README.md"))[0]
     runs = ((read("crates/mte_tool/args").split(), "crates/mte_tool/stdin"), (session.split(), trace))
-    with tempfile.TemporaryDirectory() as place:
+    with private_folder.temporary() as place:
         plain = compile_plain(place)
         outs = [subprocess.run([plain, *words], input=read(path), stdout=subprocess.PIPE, text=True, check=True).stdout
                 for words, path in runs]

@@ -139,7 +139,7 @@ Examples:
 """
 
 LIBRARY = "mte_tool_stream.so"  # for services
-FORM, HEAD = b"STREAM4\0", struct.Struct("<8sQQ")  # of shims/stream.h: the form, the reader and its descriptor of what it found
+FORM, HEAD = b"STREAM3\0", struct.Struct("<8sQQ")  # of shims/stream.h: the form, the reader and its descriptor of what it found
 ANSWERED = 20  # seconds
 CLOSED_PLACE = "choose a place that only you and root can change, such as /usr/local/lib"
 OPEN_PLACE = "choose a place that all can reach, such as /usr/local/lib"

@@ -117,61 +117,6 @@ PROGRAM(storm, "filtered storm") {
   return 0;
 }
 
-PROGRAM(storm_by_hand, "filtered storm by hand") {
-  request(1);
-  if (filter_calls(SOME(SYS_openat, SYS_open, SYS_read, SYS_mmap, SYS_madvise, SYS_futex, SYS_getpid, SYS_readlink), KILL, ALLOW, 1))
-    return 1;
-  for (int i = 0; i < 100; i++) {
-    pid_t child = fork();
-    if (!child) request(3), _exit(5);
-    if (ended(child) != 5) return 1;
-  }
-  request(3000);
-  return 0;
-}
-
-PROGRAM(few_by_hand, "few calls by hand") {
-  request(1);
-  if (filter_calls(SOME(SYS_clone, SYS_clone3, SYS_set_robust_list, SYS_wait4, SYS_write, SYS_exit_group, SYS_rt_sigprocmask,
-                        SYS_rseq, SYS_gettid), ALLOW, KILL, 1))
-    return 1;
-  for (int i = 0; i < 3; i++) {
-    pid_t child = fork();
-    if (!child) request(i * 2000 + 20), _exit(i);
-    show(ended(child));
-  }
-  return request(10), 0;
-}
-
-PROGRAM(orphan_by_hand, "orphan of a filter by hand") {
-  int ends[2];
-  char byte;
-  request(1);
-  if (pipe(ends) || filter_calls(SOME(SYS_openat), KILL, ALLOW, 1)) return 1;
-  pid_t child = fork();
-  if (!child) {
-    if (fork()) _exit(0);  // before any request, and the other has another parent
-    usleep(20000), request(4);
-    _exit(write(ends[1], "+", 1) != 1);
-  }
-  show(ended(child)), close(ends[1]);
-  show(read(ends[0], &byte, 1));
-  return 0;
-}
-
-static int give_up_in_child(int by_hand) {
-  request(1);
-  pid_t child = fork();
-  if (!child) {
-    request(5);
-    if (filter_calls(SOME(SYS_openat, SYS_mmap, SYS_getpid), KILL, ALLOW, by_hand)) _exit(1);
-    request(2000), _exit(4);
-  }
-  return show(ended(child)), 0;
-}
-PROGRAM(child_gives_up, "child that gives up calls") { return give_up_in_child(0); }
-PROGRAM(child_gives_up_by_hand, "child that gives up calls by hand") { return give_up_in_child(1); }
-
 PROGRAM(late, "filtered late") {
   request(100000);
   if (filter_calls(SOME(SYS_futex, SYS_openat, SYS_getpid, SYS_clock_gettime), KILL, ALLOW, 0)) return 1;

@@ -1,16 +1,14 @@
 // Programs with few descriptors, small limits, and nothing where they are.
 #include "hostile.h"
 
-static int forks_with(int requests, int times) {
+static int forks(int times) {
   for (int i = 0; i < times; i++) {
     pid_t child = fork();
-    if (!child) request(requests), _exit(i);
+    if (!child) request(1), _exit(i);
     show(ended(child));
   }
   return 0;
 }
-static int forks(int times) { return forks_with(1, times); }
-enum { MANY = 2000 };  // requests, for which a fork needs the stream's file
 
 PROGRAM(next, "the next descriptor") {
   request(1), show(open("/dev/null", O_RDONLY)), show(dup(0)), forks(2);
@@ -35,7 +33,7 @@ PROGRAM(takes_over, "takes all descriptors") {
   for (int i = 3; i < 200; i++) close(i);
   return request(2), 0;
 }
-PROGRAM(few, "no more descriptors") { return request(1), limit(RLIMIT_NOFILE, 3) || forks_with(MANY, 3); }
+PROGRAM(few, "no more descriptors") { return request(1), limit(RLIMIT_NOFILE, 3) || forks(3); }
 PROGRAM(small_stack, "a small limit of the stack") {
   return request(1), limit(RLIMIT_STACK, 128 << 10) || become("plain");
 }
@@ -54,12 +52,12 @@ PROGRAM(nowhere, "a folder that is gone") {
   return forks(2), become("plain");
 }
 PROGRAM(umasked, "no rights for anybody") { return umask(0777), request(1), forks(2), become("plain"); }
-PROGRAM(rooted, "another root") { return request(2), chroot("/usr") || chdir("/") || forks_with(MANY, 3); }
-PROGRAM(another_user, "another user") { return request(2), setresuid(64998, 64998, 64998) || forks_with(MANY, 3); }
+PROGRAM(rooted, "another root") { return request(2), chroot("/usr") || chdir("/") || forks(3); }
+PROGRAM(another_user, "another user") { return request(2), setresuid(64998, 64998, 64998) || forks(3); }
 PROGRAM(another_group, "another group") { return request(2), setresgid(64998, 64998, 64998) || forks(3); }
 PROGRAM(new_mounts, "mounts of its own") { return request(2), unshare(CLONE_NEWNS) || forks(2); }
 PROGRAM(new_processes, "processes of its own") {
-  return request(2), unshare(CLONE_NEWPID) || forks_with(MANY, 1) || (request(1), 0);
+  return request(2), unshare(CLONE_NEWPID) || forks(1) || (request(1), 0);
 }
 PROGRAM(parts, "nothing shared") { return request(2), unshare(CLONE_FILES | CLONE_FS | CLONE_SYSVSEM) || forks(2); }
 PROGRAM(broken_pipe, "a broken pipe") {
