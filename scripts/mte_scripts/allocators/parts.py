@@ -51,14 +51,14 @@ class Part:
         if record.kind == "timeline" and len(self.held) > 1:
             instead = "which a timeline can't say: give a history or a profile"
             raise Refusal(2, f"{self.model.title} keeps some of its sizes, {instead}")
-        given = {size: self.given(block) for size in record.sizes if (block := self.block(size))}
-        text = record.changed(given, {self.given(size): count for size, count in self.held.items()})
+        given = {size: self.request_for(block) for size in record.sizes if (block := self.block(size))}
+        text = record.replace_sizes(given, {self.request_for(size): count for size, count in self.held.items()})
         if len(text) > MOST_INPUT:
             wrong = f"it has {len(text):,} bytes in numbers, and mte_tool reads {MOST_INPUT:,}"
             raise Refusal(2, f"{printable(record.name)}: {wrong}: give a history")
         return text
 
-    def given(self, size: int) -> int:
+    def request_for(self, size: int) -> int:
         """The request that needs as many granules as the number of a block size."""
         return GRANULE_BYTES * self.number[size] - GRANULE_BYTES
 

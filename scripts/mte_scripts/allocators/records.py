@@ -47,7 +47,7 @@ class Record:
             most, live = max(most, max(sums)), sums[-1]
         return most
 
-    def changed(self, size_of: "dict[int, int]", more: "dict[int, int]") -> bytes:
+    def replace_sizes(self, size_of: "dict[int, int]", more: "dict[int, int]") -> bytes:
         """The same with other sizes, without those that have none; and with more blocks of sizes, live all the time."""
         if self.kind == "timeline":
             words = dict.fromkeys(self.lines, b"")

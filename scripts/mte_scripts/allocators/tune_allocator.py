@@ -123,7 +123,7 @@ class Answer(NamedTuple):
     sizes: "list[int]"
     built: Table
 
-    def saved(self) -> int:
+    def saving(self) -> int:
         return self.tables[0].taken - self.built.taken
 
     def cells(self, table: Table) -> "list[str]":
@@ -218,7 +218,7 @@ def summary(answer: Answer) -> str:
     if live := record.most(alone):
         others = f"of requests with {figures.kibibytes(live)} live at most, and large ones"
         said.append(f"Left alone are smaller and larger blocks, {others}.")
-    if figures.helps(answer.saved(), own.taken):
+    if figures.helps(answer.saving(), own.taken):
         said += [f"To build, by {model.build}:", ",".join(map(str, answer.sizes))]
     lines += text_layout.columns([["Table", "sizes", "takes", "less", ""], *map(answer.cells, answer.tables)])
     lines += [line for text in said for line in ["", *text_layout.wrap_text(text, WIDTH)]]
@@ -228,8 +228,8 @@ def summary(answer: Answer) -> str:
 def prediction(answer: Answer) -> str:
     """What follows for the memory of the program."""
     own, built, title = answer.tables[0], answer.built, answer.model.title
-    saved, *amounts = map(figures.kibibytes, (answer.saved(), own.live, own.taken, built.live, built.taken))
-    if not figures.helps(answer.saved(), own.taken):
+    saved, *amounts = map(figures.kibibytes, (answer.saving(), own.live, own.taken, built.live, built.taken))
+    if not figures.helps(answer.saving(), own.taken):
         return f"Nothing to gain: {title} as it is takes {amounts[1]}, and with other sizes {amounts[3]}."
     if answer.record.has_one_moment():
         return f"No saving is predicted: one moment does not show whether the program grows. If all that is counted is live at once, {saved} less."
